@@ -18,7 +18,8 @@ use Rattle.base_value.specs.declared.sharing.Level.{Level}
 use Rattle.base_value.specs.declared.sharing.Level.TheVariants.{Full}
 use Rattle.store_edit.specs.Judging.{FailsRule, Passes}
 use Rattle.store_edit.proofs.StepByStep.{fails_here, rule_fails, second_fails}
-use Rattle.access_shares.specs.inner.Finding.{FindsLevel, FindsShareable, IsLevelOn}
+use Rattle.access_shares.specs.Shareable.{FindsShareable}
+use Rattle.access_shares.specs.inner.Finding.{FindsLevel, IsLevelOn}
 
 module _ (a : Asked) (id : List ℕ) where
   -- a failure is passed on

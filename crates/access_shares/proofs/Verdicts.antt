@@ -27,7 +27,8 @@ use Rattle.store_edit.specs.Judging.{FailsRule, Passes}
 use Rattle.store_edit.proofs.StepByStep.{accepted, four_pass, fourth_fails, none_next, rule_fails, third_fails}
 use Rattle.access_shares.specs.declared.unsharing.NamedShare.{NamedShare}
 use Rattle.access_shares.specs.inner.Accepting.{AcceptsEnd, AcceptsShare, IsNamedBy, end_verdict, share_named, shared_in, unshared_in}
-use Rattle.access_shares.specs.inner.Finding.{FindsShareable, IsShareable, NamesItem, member_rules}
+use Rattle.access_shares.specs.Shareable.{FindsShareable, IsShareable}
+use Rattle.access_shares.specs.inner.Finding.{NamesItem, member_rules}
 use Rattle.access_shares.proofs.Unspelled.{no_record}
 
 -- ---- a new share

@@ -1,2 +1,3 @@
+pub mod Shareable
 pub mod Shares
 pub mod inner

@@ -14,5 +14,6 @@ mod texts;
 mod unsharing;
 
 pub use crate::laws::share_laws;
+pub use crate::shareable::find_shareable;
 pub use crate::sharing::Share;
 pub use crate::unsharing::Unshare;

@@ -13,7 +13,8 @@ ghost use Rattle.model.specs.Shares.{detail_refused};
 ghost use Rattle.model.specs.Tenant.{Tenant};
 ghost use Rattle.store_edit.specs.Judging.{Passes};
 ghost use Rattle.access_traits.specs.Rights.{level_shown};
-ghost use Rattle.access_shares.specs.inner.Finding.{FindsLevel, FindsShareable, readable_or_none};
+ghost use Rattle.access_shares.specs.Shareable.{FindsShareable};
+ghost use Rattle.access_shares.specs.inner.Finding.{FindsLevel, readable_or_none};
 ghost use Rattle.store_abstraction.specs.Calls.{Calls, ended_edit, fell};
 ghost use Rattle.store_abstraction.specs.Local.{StandsIn};
 ghost use Rattle.store_abstraction.specs.Plan.{OrgPlan};
@@ -109,7 +110,7 @@ fn check_level(level: Level) -> Result<(), EditFail>
 /// `Refused` with `NotFound` if they can't read it, `InvalidType` if it is a detail, `InsufficientAccess` if their level on it
 /// isn't Full. `Store` with `Keeper` if the keeper failed, `Memory` if out of memory, `Damaged` never if the organisation's rows
 /// stand for a tenant of whose user the rights are.
-pub(crate) fn find_shareable<K: Keeper, R: Rights>(
+pub fn find_shareable<K: Keeper, R: Rights>(
     alloc: Global,
     draft: &mut Draft<'_, K>,
     rights: &R,

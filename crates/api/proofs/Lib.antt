@@ -7,6 +7,7 @@ pub mod RouteLaws
 pub mod Plain
 pub mod Characters
 pub mod Slashes
+pub mod Versions
 pub mod Refusing
 pub mod Parts
 pub mod Queries

@@ -1,5 +1,5 @@
 -- What a route's request comes to for who asks.
-use Rattle.std.proofs.Common.{◌≡◌, ◌∙◌, ◌≤◌, ℕ, true, false, ◌&&◌, List, inl, inr, refl, sym, ap, subst, arith}
+use Rattle.std.proofs.Common.{◌≡◌, ◌∙◌, ◌≤◌, ℕ, Bool, true, false, ◌&&◌, List, inl, inr, refl, sym, ap, subst, arith}
 use Rattle.std.specs.Prelude.{Result, Ok, Err, IfOk, not, if◌then◌else◌}
 use Rattle.api_edit.specs.Administration.{IsEditReply, is_edit}
 use Rattle.store_kv.specs.Draft.{DraftReads, Held}
@@ -9,11 +9,13 @@ use Rattle.store_rows.specs.declared.fail.StoreFail.{StoreFail}
 use Rattle.model.specs.declared.caller.Caller.{Caller}
 use Rattle.model.specs.declared.refusal.Refusal.TheVariants.{AdminRequired}
 use Rattle.model.specs.declared.reply.Reply.{Reply}
+use Rattle.model_reads.specs.declared.read.Read.{Read}
+use Rattle.model_reads.specs.Reads.{for_administrators, read_verdict}
 use Rattle.model_requests.specs.declared.route.Route.{Route}
 use Rattle.model_requests.specs.declared.route.Route.TheVariants.{AddGroup, AddRole, AddUser, Create, GetRetype, Query, Upsert}
-use Rattle.model_requests.specs.declared.routed.Routed.TheVariants.{To}
+use Rattle.model_requests.specs.declared.routed.Routed.TheVariants.{Reads, To}
 use Rattle.model.specs.Paths.{Asked}
-use Rattle.model_requests.specs.RequestOf.{request_of, verdict_at, verdict_or}
+use Rattle.model_requests.specs.RequestOf.{request_of, unless_barred, verdict_at, verdict_or}
 use Rattle.model.specs.Retyping.{get_retype}
 use Rattle.model_requests.specs.Routing.{is_administration}
 use Rattle.model.specs.Verdict.{Verdict, refuse}
@@ -31,28 +33,44 @@ pub record IsOther (r : Route) : Type 0 where
   pub no_query : (pairs : List ℕ) → r ≡ Query pairs → ⊥
   pub no_state : r ≡ GetRetype → ⊥
 
-module _ (r : Route) (body : List ℕ) (c : Caller) (now : ℕ) where
-  lacks : (a : Asked) → IsAsking c now a → verdict_at a body (To r) ≡ (if is_administration r && not c.admin then refuse a.tenant AdminRequired else verdict_or a (request_of r body))
-  lacks a asking = ap (λ b. if is_administration r && not b then refuse a.tenant AdminRequired else verdict_or a (request_of r body)) asking.admin
+-- whether who asks is barred, by what was tested
+pub barred : (asked for admin r v : Bool) → asked ≡ for → r ≡ (asked && not admin) → r ≡ v → (for && not admin) ≡ v
+barred asked for admin r v is made e = ap (λ (b : Bool). b && not admin) (sym is) ∙ sym made ∙ e
 
+-- the verdict by whether who asks is barred
+unbarred : (a : Asked) (c : Caller) (now : ℕ) (for b : Bool) (w : Verdict) → IsAsking c now a → (for && not c.admin) ≡ b
+    → unless_barred a for w ≡ (if b then refuse a.tenant AdminRequired else w)
+unbarred a c now for b w asking e =
+    ap (λ (x : Bool). if for && not x then refuse a.tenant AdminRequired else w) asking.admin
+    ∙ ap (λ (x : Bool). if x then refuse a.tenant AdminRequired else w) e
+
+module _ (r : Route) (body : List ℕ) (c : Caller) (now : ℕ) where
   -- the caller is no administrator, and has to be one
-  pub administrator_lacks : (a : Asked) → IsAsking c now a → (is_administration r && not c.admin) ≡ true → verdict_at a body (To r) ≡ refuse a.tenant AdminRequired
-  administrator_lacks a asking e = lacks a asking ∙ ap (λ b. if b then refuse a.tenant AdminRequired else verdict_or a (request_of r body)) e
+  pub administrator_lacks : (a : Asked) → IsAsking c now a → (is_administration r && not c.admin) ≡ true → verdict_at c.org a body (To r) ≡ refuse a.tenant AdminRequired
+  administrator_lacks a asking e = unbarred a c now (is_administration r) true (verdict_or a (request_of r body)) asking e
 
   -- the request itself
-  request_verdict : (a : Asked) → IsAsking c now a → (is_administration r && not c.admin) ≡ false → verdict_at a body (To r) ≡ verdict_or a (request_of r body)
-  request_verdict a asking e = lacks a asking ∙ ap (λ b. if b then refuse a.tenant AdminRequired else verdict_or a (request_of r body)) e
+  request_verdict : (a : Asked) → IsAsking c now a → (is_administration r && not c.admin) ≡ false → verdict_at c.org a body (To r) ≡ verdict_or a (request_of r body)
+  request_verdict a asking e = unbarred a c now (is_administration r) false (verdict_or a (request_of r body)) asking e
+
+-- the same of a read
+module _ (r : Read) (body : List ℕ) (c : Caller) (now : ℕ) where
+  pub read_refused : (a : Asked) → IsAsking c now a → (for_administrators r && not c.admin) ≡ true → verdict_at c.org a body (Reads r) ≡ refuse a.tenant AdminRequired
+  read_refused a asking e = unbarred a c now (for_administrators r) true (read_verdict c.org a r) asking e
+
+  pub read_allowed : (a : Asked) → IsAsking c now a → (for_administrators r && not c.admin) ≡ false → verdict_at c.org a body (Reads r) ≡ read_verdict c.org a r
+  read_allowed a asking e = unbarred a c now (for_administrators r) false (read_verdict c.org a r) asking e
 
 -- one that asks how far the change of a type is
 pub state_asked : (r : Route) (body : List ℕ) (c : Caller) (now : ℕ) (a : Asked) → IsAsking c now a → r ≡ GetRetype → (is_administration r && not c.admin) ≡ false
-    → verdict_at a body (To r) ≡ get_retype a.tenant
+    → verdict_at c.org a body (To r) ≡ get_retype a.tenant
 unfolding request_of
 state_asked r body c now a asking is may = request_verdict r body c now a asking may ∙ ap (λ (x : Route). verdict_or a (request_of x body)) is
 
 module _ (r : Route) (body : List ℕ) (c : Caller) (now : ℕ) (may : (is_administration r && not c.admin) ≡ false) where
   -- a request for an edit
   pub edited : (org : ℕ) (m after : Tables) (result : Result (Judged Reply) StoreFail)
-      → Responds org (IsAsking c now) (λ a. verdict_or a (request_of r body)) m after result → Responds org (IsAsking c now) (λ a. verdict_at a body (To r)) m after result
+      → Responds org (IsAsking c now) (λ a. verdict_or a (request_of r body)) m after result → Responds org (IsAsking c now) (λ a. verdict_at c.org a body (To r)) m after result
   edited org m after result h = record {
     others = h.others;
     replied = λ p a s asking. subst (λ (v : Verdict). RepliesAt org a v after result) (sym (request_verdict r body c now a asking may)) (h.replied p a s asking);

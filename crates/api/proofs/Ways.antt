@@ -6,7 +6,7 @@ use Rattle.std.specs.Prelude.{bytes_eq, if◌then◌else◌, is_some, Option, So
 use Rattle.std.specs.Str.{chars}
 use Rattle.std.proofs.lemmas.Bool.{and_parts as both}
 use Rattle.form_urlencoded.specs.Form.{split}
-use Rattle.model_requests.specs.declared.route.Route.{Route}
+use Rattle.model_requests.specs.declared.routed.Routed.{Routed}
 use Rattle.model_requests.specs.Routing.{Line, first_route, is_empty, is_path, lines, or_else, parts_by, parts_of, path_of, query_of, route_by, segments}
 use Rattle.api.specs.router.Cuts.{AllUtf8}
 use Rattle.api.specs.router.Find.{path_parts}
@@ -20,13 +20,13 @@ use Rattle.api.proofs.Parts.{is_ascii, parts-chars, piece_of}
 -- ---- lines by bytes
 
 -- a line of the definition, and one of this crate: the request is made of a query string and of the parts' characters
-abbrev pub way_of : (query : List ℕ) → Line → MethodWay Route
+abbrev pub way_of : (query : List ℕ) → Line → MethodWay Routed
 way_of query l = (l.method, (map piece_of (drop 1 (segments l.pattern)), λ parts. l.made query (map chars parts)))
 
-abbrev pub way : (query : List ℕ) → KindLine → MethodWay Route
+abbrev pub way : (query : List ℕ) → KindLine → MethodWay Routed
 way query (m, (p, k)) = (m, (pieces_of p, λ parts. made_by k query (map chars parts)))
 
-abbrev pub ways : (query : List ℕ) → List (MethodWay Route)
+abbrev pub ways : (query : List ℕ) → List (MethodWay Routed)
 ways query = map (way query) kind_lines
 
 pub lines-ways : (query : List ℕ) → map (way_of query) lines ≡ ways query
@@ -54,7 +54,7 @@ parts-line [] ss h u = cc
 parts-line ([] ∷ ps) ss h u = parts-chars ps ss h u
 parts-line ((c ∷ s) ∷ ps) ss h u = cc
 
-mapped : (made : List (List ℕ) → Route) (m : Option (List (List ℕ))) → option_map made (option_map (map chars) m) ≡ option_map (λ parts. made (map chars parts)) m
+mapped : (made : List (List ℕ) → Routed) (m : Option (List (List ℕ))) → option_map made (option_map (map chars) m) ≡ option_map (λ parts. made (map chars parts)) m
 mapped made None = refl
 mapped made (Some parts) = refl
 
@@ -62,7 +62,7 @@ mapped-some : (m : Option (List (List ℕ))) → is_some (option_map (map chars)
 mapped-some None = refl
 mapped-some (Some parts) = refl
 
-or_else-way : (a b : Option Route) → or_else a b ≡ or_way a b
+or_else-way : (a b : Option Routed) → or_else a b ≡ or_way a b
 or_else-way None b = refl
 or_else-way (Some r) b = refl
 
@@ -102,7 +102,7 @@ parts-none [] ss cs h e = cc
 parts-none ([] ∷ ps) ss cs h e = ap (λ b. if b then parts_by ps ss else None) (not-empty cs e)
 parts-none ((c ∷ s) ∷ ps) ss cs h e = cc
 
-either : (b : Bool) (r : Option Route) → (if b then r else r) ≡ r
+either : (b : Bool) (r : Option Routed) → (if b then r else r) ≡ r
 either true r = refl
 either false r = refl
 
@@ -147,7 +147,7 @@ kinds-first method query parts p [] = refl
 kinds-first method query parts p ((m, (q, k)) ∷ ls) =
     by (first_by_pattern method parts (pieces_of p) (map (way query) ls)) (kind_in method p ls) (kinds-first method query parts p ls) (same_pieces (pieces_of p) (pieces_of q)) (bytes_eq method m)
   where
-    by : (first : Option Route) (kind : Option Kind) → first ≡ option_map (λ k. made_by k query (map chars parts)) kind → (s b : Bool)
+    by : (first : Option Routed) (kind : Option Kind) → first ≡ option_map (λ k. made_by k query (map chars parts)) kind → (s b : Bool)
         → cond s (or_way (by_method b (Some (made_by k query (map chars parts)))) first) first
         ≡ option_map (λ k. made_by k query (map chars parts)) (cond (s && b) (Some k) kind)
     by first kind e true true = refl

@@ -14,14 +14,17 @@ mod kind;
 mod methods;
 mod place;
 mod query;
+mod read_kind;
 mod replies;
 mod requests;
 mod retyping;
+mod route_kind;
 mod router;
 mod routes;
 mod routing;
 mod table;
 mod target;
+mod version;
 
 pub use crate::query::query_text;
 pub use crate::requests::respond;

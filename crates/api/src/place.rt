@@ -2,6 +2,7 @@
 #[derive(Debug, Clone, Copy, Drop)]
 pub enum Place {
     Query,
+    QueryAll,
     Object,
     Record,
     External,
@@ -22,4 +23,13 @@ pub enum Place {
     Group,
     Organisation,
     Retype,
+    UserInfo,
+    Identity,
+    Versions,
+    Version,
+    Limits,
+    People,
+    DescribedObjects,
+    RecordShares,
+    ObjectRules,
 }

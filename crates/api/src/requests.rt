@@ -5,14 +5,15 @@ ghost use Rattle.std.specs.Str.{chars};
 ghost use Rattle.api_edit.specs.Administration.{IsEditReply, is_edit};
 ghost use Rattle.store_kv.specs.Draft.{DraftTells, removals_of, tables_of};
 ghost use Rattle.store_kv.specs.State.{data_table};
-ghost use Rattle.model_requests.specs.declared.routed.Routed.TheVariants.{To};
+ghost use Rattle.model_requests.specs.declared.routed.Routed.TheVariants.{Reads, To};
 ghost use Rattle.model_requests.specs.RequestOf.{request_of, verdict_at, verdict_or};
 ghost use Rattle.model_requests.specs.Routing.{is_administration, routed};
 ghost use Rattle.api.specs.Forms.{IsRequestReply};
 ghost use Rattle.store_abstraction.specs.Operations.{Drafts, Responds};
 ghost use Rattle.model.specs.Asker.{IsAsking};
 ghost use Rattle.model.specs.Bounds.{edit_shown, request_changes, request_gone};
-ghost use Rattle.model_requests.specs.FurtherShown.{further_shown};
+ghost use Rattle.model_reads.specs.Reads.{read_shown};
+ghost use Rattle.model_requests.specs.FurtherShown.{further_shown, routed_shown};
 ghost use Rattle.model.specs.Shown.{shown_beside};
 ghost use Rattle.base_value.specs.Dates.{is_moment};
 
@@ -23,8 +24,10 @@ use crate::routes::Routes;
 use access_traits::Administrator;
 use access_user::user_rights;
 use api_edit::administer;
+use api_read::answer_read;
 use http::Method;
 use model::{Caller, Refusal, Reply};
+use model_reads::Read;
 use model_requests::{Route, Routed};
 use query_json::refuse;
 use std::alloc::Global;
@@ -32,11 +35,11 @@ use store_abstraction::{Judged, call_laws};
 use store_kv::{Draft, Keeper, draft_laws};
 use store_rows::StoreFail;
 
-// Whether the request is for administrators, and its caller is none.
-fn lacks_administrator(caller: &Caller, route: &Route) -> bool
-    ensures { result ≡ (is_administration route.now && not caller.now.admin) }
+// Whether a request that is for administrators or isn't may not be made, since its caller is none.
+fn is_barred(caller: &Caller, for_administrators: bool) -> bool
+    ensures { result ≡ (for_administrators && not caller.now.admin) }
 {
-    route.is_administration() && !caller.admin
+    for_administrators && !caller.admin
 }
 
 // Answers a request for an edit, by the rights of who asks.
@@ -78,14 +81,14 @@ fn answer<K: Keeper>(
 ) -> Result<Judged<Reply>, StoreFail>
     requires { IsTrue (is_moment (pos now)) }
     ensures what { DraftTells K.state draft.old draft.new
-        → Responds caller.now.org (IsAsking caller.now now) (λ a. verdict_at a body.now (To route.now)) (tables_of K.state draft.old)
+        → Responds caller.now.org (IsAsking caller.now now) (λ a. verdict_at caller.now.org a body.now (To route.now)) (tables_of K.state draft.old)
         (tables_of K.state draft.new) result }
     ensures form { IfOk result (IsRequestReply (To route.now)) }
     ensures drafts { Drafts K.state request_changes request_gone (shown_beside (further_shown (To route.now)) (removals_of K.state data_table draft.old))
         result draft.old draft.new }
 {
     call_laws::<K>();
-    if lacks_administrator(caller, route) {
+    if is_barred(caller, route.is_administration()) {
         return unchanged(refuse(alloc, Refusal::AdminRequired));
     }
     match route {
@@ -95,8 +98,31 @@ fn answer<K: Keeper>(
     }
 }
 
+// Answers a read, which its body doesn't matter to.
+fn answer_reading<K: Keeper>(
+    alloc: Global,
+    draft: &mut Draft<'_, K>,
+    caller: &Caller,
+    now: u64,
+    read: &Read,
+    body: &[u8],
+) -> Result<Judged<Reply>, StoreFail>
+    ensures what { DraftTells K.state draft.old draft.new
+        → Responds caller.now.org (IsAsking caller.now now) (λ a. verdict_at caller.now.org a body.now (Reads read.now))
+        (tables_of K.state draft.old) (tables_of K.state draft.new) result }
+    ensures form { IfOk result (IsRequestReply (Reads read.now)) }
+    ensures drafts { Drafts K.state request_changes request_gone (read_shown read.now) result draft.old draft.new }
+{
+    call_laws::<K>();
+    if is_barred(caller, read.for_administrators()) {
+        return unchanged(refuse(alloc, Refusal::AdminRequired));
+    }
+    unchanged(answer_read(alloc, draft, caller, read))
+}
+
 /// Judges a caller's request at this moment over the draft, and makes its reply: if the draft holds the change that it asks for, 204
-/// without a body, or 200 or 201 with one; rows, how far the change of a field's type is, or a refusal if it changes nothing.
+/// without a body, or 200 or 201 with one; rows, what is read, how far the change of a field's type is, or a refusal if it changes
+/// nothing.
 ///
 /// # Errors
 ///
@@ -114,16 +140,17 @@ pub fn respond<K: Keeper>(
 ) -> Result<Judged<Reply>, StoreFail>
     requires { IsTrue (is_moment (pos now)) }
     ensures what { DraftTells K.state draft.old draft.new
-        → Responds caller.now.org (IsAsking caller.now now) (λ a. verdict_at a body.now (routed method.now (chars target.now)))
+        → Responds caller.now.org (IsAsking caller.now now) (λ a. verdict_at caller.now.org a body.now (routed method.now (chars target.now)))
         (tables_of K.state draft.old) (tables_of K.state draft.new) result }
     ensures form { IfOk result (IsRequestReply (routed method.now (chars target.now))) }
     ensures drafts { Drafts K.state request_changes request_gone
-        (shown_beside (further_shown (routed method.now (chars target.now))) (removals_of K.state data_table draft.old)) result
+        (routed_shown (routed method.now (chars target.now)) (removals_of K.state data_table draft.old)) result
         draft.old draft.new }
 {
     call_laws::<K>();
     match routes.route(alloc, method, target) {
         Ok(Routed::To(route)) => answer(alloc, draft, caller, now, &route, body),
+        Ok(Routed::Reads(read)) => answer_reading(alloc, draft, caller, now, &read, body),
         Ok(Routed::NotFound) => unchanged(refuse(alloc, Refusal::NotFound)),
         Ok(Routed::NotAllowed) => unchanged(refuse(alloc, Refusal::MethodNotAllowed)),
         Err(_) => Err(StoreFail::Memory),

@@ -6,6 +6,7 @@ use crate::place::Place;
 use crate::routing::route_by;
 use crate::table::router;
 use crate::target::path_and_query;
+use crate::version::as_served;
 use http::Method;
 use matchit::Router;
 use model_requests::Routed;
@@ -59,10 +60,11 @@ impl Routes {
         ensures { IfOk result (λ r. r ≡ routed method.now (chars target.now)) }
     {
         let (path, query) = path_and_query(target);
+        let path = as_served(alloc, path)?;
         if is_head(method) {
-            route_by(alloc, &self.router, &Method::GET, path, query)
+            route_by(alloc, &self.router, &Method::GET, path.as_str(), query)
         } else {
-            route_by(alloc, &self.router, method, path, query)
+            route_by(alloc, &self.router, method, path.as_str(), query)
         }
     }
 }

@@ -46,7 +46,7 @@ fn route_at(
     let first = next_part(alloc, &mut parts)?;
     let second = next_part(alloc, &mut parts)?;
     let third = next_part(alloc, &mut parts)?;
-    Ok(Routed::To(kind.route(pairs, first, second, third)))
+    Ok(kind.routed(pairs, first, second, third))
 }
 
 /// The request of the line of the table that has a method and a path, with a query string, by the router of the table.

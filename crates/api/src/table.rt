@@ -7,11 +7,12 @@ use matchit::{InsertError, Router};
 use std::alloc::Global;
 
 // The pattern of each place. What is in braces is a part of the path, which isn't empty; all else is itself.
-fn patterns() -> [(&'static str, Place); 21]
+fn patterns() -> [(&'static str, Place); 31]
     ensures { map pattern_of result ≡ patterns }
 {
     [
         ("/services/data/v59.0/query", Place::Query),
+        ("/services/data/v59.0/queryAll", Place::QueryAll),
         ("/services/data/v59.0/sobjects/{a}", Place::Object),
         ("/services/data/v59.0/sobjects/{a}/{b}", Place::Record),
         ("/services/data/v59.0/sobjects/{a}/{b}/{c}", Place::External),
@@ -32,6 +33,15 @@ fn patterns() -> [(&'static str, Place); 21]
         ("/admin/groups/{a}", Place::Group),
         ("/admin/organisation", Place::Organisation),
         ("/admin/retype", Place::Retype),
+        ("/services/oauth2/userinfo", Place::UserInfo),
+        ("/id/{a}/{b}", Place::Identity),
+        ("/services/data", Place::Versions),
+        ("/services/data/v59.0", Place::Version),
+        ("/services/data/v59.0/limits", Place::Limits),
+        ("/services/data/v59.0/people", Place::People),
+        ("/services/data/v59.0/sobjects", Place::DescribedObjects),
+        ("/services/data/v59.0/shares/{a}", Place::RecordShares),
+        ("/admin/validation-rules/{a}", Place::ObjectRules),
     ]
 }
 

@@ -1,6 +1,7 @@
 ghost use Rattle.std.specs.Prelude.{◌≡◌};
+ghost use Rattle.std.specs.List.{before_first};
 ghost use Rattle.std.specs.Str.{chars};
-ghost use Rattle.model_requests.specs.Routing.{path_of, query_of, without_slash};
+ghost use Rattle.model_requests.specs.Routing.{is_question, query_of, without_slash};
 
 // A path without one slash at its end.
 fn without_slash(path: &str) -> &str
@@ -14,7 +15,7 @@ fn without_slash(path: &str) -> &str
 
 /// The path of a target, and its query string: what is before the first `?`, without one slash at its end, and what is behind it.
 pub fn path_and_query(target: &str) -> (&str, &str)
-    ensures path { chars result.0.now ≡ path_of (chars target.now) }
+    ensures path { chars result.0.now ≡ without_slash (before_first is_question (chars target.now)) }
     ensures query { chars result.1.now ≡ query_of (chars target.now) }
 {
     match target.split_once('?') {

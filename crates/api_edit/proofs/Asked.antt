@@ -33,7 +33,8 @@ use Rattle.model.specs.Organisations.{is_secret}
 use Rattle.model.specs.Paths.{Asked}
 use Rattle.model_requests.specs.PeopleForms.{group_change_request, group_request, organisation_request, retype_request, role_change_request, role_request, user_change_request, user_request}
 use Rattle.model.specs.declared.people_bodies.Spelled.{Spelled}
-use Rattle.model_requests.specs.RequestOf.{request_of, request_or, value_part, verdict_or}
+use Rattle.model_requests.specs.RequestOf.{request_of, request_or, verdict_or}
+use Rattle.model_reads.specs.Parts.{value_part}
 use Rattle.model_requests.specs.Requests.{Request, adds_field, adds_group, adds_object, adds_sharing_rule, adds_user, adds_validation_rule, cancels_retype, creates, deletes, removes_group, removes_role, removes_sharing_rule, removes_validation_rule, sets_group, sets_object, sets_organisation, sets_role, sets_user, shares, unshares, updates, upserts, verdict_on}
 use Rattle.model.specs.Sound.{IsSound}
 use Rattle.model.specs.Tenant.{Tenant}

@@ -1,5 +1,4 @@
 mod Asked
 mod Giving
-mod Parts
 mod Replied
 mod Values

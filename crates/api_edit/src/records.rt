@@ -5,7 +5,8 @@ ghost use Rattle.api_edit.specs.Administration.{AsksWith};
 ghost use Rattle.api_edit.specs.inner.Edits.{EditsFrom, IsAnswerTo};
 ghost use Rattle.store_edit.specs.Edits.{DraftsEdit};
 ghost use Rattle.store_kv.specs.Draft.{DraftTells, tables_of};
-ghost use Rattle.model_requests.specs.RequestOf.{request_of, value_part, verdict_or};
+ghost use Rattle.model_requests.specs.RequestOf.{request_of, verdict_or};
+ghost use Rattle.model_reads.specs.Parts.{value_part};
 ghost use Rattle.model_requests.specs.declared.route.Route.TheVariants as route;
 ghost use Rattle.model.specs.Bounds.{edit_shown, request_changes, request_gone};
 ghost use Rattle.base_value.specs.Dates.{is_moment};
@@ -15,13 +16,12 @@ use crate::bodies::values_in;
 use access_traits::Rights;
 use base_value::Text;
 use model::Caller;
+use model_reads::value_part;
 use model_requests::{refusal_laws, requests_fit};
-use percent_encoding::percent_decode;
 use record_delete::Delete;
 use record_input::given_laws;
 use record_save::{Create, Update, Upsert};
-use std::alloc::{AllocError, Global};
-use std::str::from_utf8;
+use std::alloc::Global;
 use store_abstraction::{EditFail, call_laws};
 use store_edit::make_edit;
 use store_kv::{Draft, Keeper};
@@ -32,18 +32,6 @@ pub fn moment(now: u64) -> i64
     ensures { result ≡ pos now }
 {
     now as i64
-}
-
-// The value in the path of an upsert, with its percent triplets decoded; none where these bytes aren't UTF-8.
-fn value_part(alloc: Global, part: &Text) -> Result<Option<Text>, AllocError>
-    ensures { IfOk result (λ text. text ≡ value_part part.now) }
-{
-    let mut bytes = Vec::new(alloc);
-    percent_decode(part.as_str().as_bytes()).append_to(&mut bytes)?;
-    match from_utf8(bytes.as_slice()) {
-        Ok(text) => Ok(Some(Text::from_str(alloc, text)?)),
-        Err(_) => Ok(None),
-    }
 }
 
 /// Makes a record of the object with this name, by a body.

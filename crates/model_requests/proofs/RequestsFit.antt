@@ -22,8 +22,9 @@ use Rattle.model.specs.Members.{Body, as_text, as_text_or_null, as_truth, assign
 use Rattle.model.specs.Organisations.{is_secret}
 use Rattle.model.specs.Paths.{Asked}
 use Rattle.model_requests.specs.PeopleForms.{as_principals, group_change_request, group_request, organisation_request, retype_request, role_change_request, role_request, user_change_request, user_request}
-use Rattle.model_requests.specs.RequestOf.{by_body, query_or, request_of, request_or, value_part}
-use Rattle.model_requests.specs.Requests.{Request, adds_group, adds_role, asks, cancels_retype, creates, deletes, gets_retype, removes_group, removes_role, removes_sharing_rule, removes_validation_rule, sets_group, sets_organisation, sets_role, sets_user, unshares, updates, upserts}
+use Rattle.model_requests.specs.RequestOf.{by_body, query_or, request_of, request_or}
+use Rattle.model_reads.specs.Parts.{value_part}
+use Rattle.model_requests.specs.Requests.{Request, adds_group, adds_role, asks, cancels_retype, creates, deletes, gets_retype, removes_group, removes_role, removes_sharing_rule, removes_validation_rule, sets_group, sets_organisation, sets_role, unshares, updates, upserts}
 use Rattle.model.specs.Sound.{IsSound}
 use Rattle.model.specs.Step.{query_text}
 use Rattle.model_requests.specs.Fit.{IsFit}

@@ -9,7 +9,7 @@ use Rattle.model.specs.Paths.{Asked}
 use Rattle.model.specs.Retyping.{get_retype, state_of}
 use Rattle.model.specs.Rules.{Rule, first_refusal}
 use Rattle.model.specs.Tenant.{Job, Tenant}
-use Rattle.model.specs.Verdict.{Verdict, accept, judged, refuse, rows_of, unless}
+use Rattle.model.specs.Verdict.{accept, judged, refuse, rows_of, unless}
 
 -- a query leaves all as it is
 pub asked_same : (a : Asked) (q : Query) → (ask a q).tenant ≡ a.tenant

@@ -51,14 +51,14 @@ tenant_sound : (w : World) (n : ℕ) (t : Tenant) → AllByRecursion IsSound w �
 tenant_sound w zero t all e = absurd cc
 tenant_sound w (suc n) t all e = all_at IsSound t w all (at_has n w t e)
 
-pub world_sound : ((a : _) (m : Message) → IsCaller a → IsSound a.tenant → IsSound (answer_to a m).1)
+pub world_sound : ((org : ℕ) (a : _) (m : Message) → IsCaller a → IsSound a.tenant → IsSound (answer_to org a m).1)
     → (w : World) (m : Message) (now : ℕ) → is_moment (pos now) ≡ true → IsWorld w → IsWorld (step_by answered w m now).1
 world_sound law w m now moment s = by (key_in m)
   where
     user : (t : Tenant) → IsSound t → (c : Caller) (o : Option User) → user_at t.users c.user ≡ o
-        → IsSound (in_case o (refused InvalidSession t) (λ u. answer_to (record { tenant = t; user = u; now = pos now }) m)).1
+        → IsSound (in_case o (refused InvalidSession t) (λ u. answer_to c.org (record { tenant = t; user = u; now = pos now }) m)).1
     user t h c None e = h
-    user t h c (Some u) e = law (record { tenant = t; user = u; now = pos now }) m (found_self t.users c.user u e, moment) h
+    user t h c (Some u) e = law c.org (record { tenant = t; user = u; now = pos now }) m (found_self t.users c.user u e, moment) h
 
     called : (t : Tenant) → IsSound t → (c : Option Caller) → IsSound (if_called answered m now c t).1
     called t h None = h

@@ -11,4 +11,4 @@ use Rattle.model_requests.specs.RequestOf.{answer_to}
 abbrev pub answered : Answering
 answered c m now t =
     in_case (user_at t.users c.user) (refused InvalidSession t) (λ u.
-    answer_to (record { tenant = t; user = u; now = pos now }) m)
+    answer_to c.org (record { tenant = t; user = u; now = pos now }) m)

@@ -1,5 +1,5 @@
 -- The forms of the bodies, each with the request that it makes. They are this product's own.
-use Rattle.std.specs.Prelude.{ℕ, Bool, true, not, ◌&&◌, List, [], ◌∷◌, bytes_eq, codes, if◌then◌else◌, Option, Some, None, is_some, is_none, unwrap_or}
+use Rattle.std.specs.Prelude.{ℕ, true, not, ◌&&◌, List, [], ◌∷◌, bytes_eq, codes, if◌then◌else◌, Option, Some, None, is_some, is_none, unwrap_or}
 use Rattle.std.specs.Bool.{beq}
 use Rattle.std.specs.List.{flat_map}
 use Rattle.std.specs.Option.{option_map}
@@ -11,7 +11,6 @@ use Rattle.model.specs.Fields.{by_parent}
 use Rattle.base_json.specs.declared.tree.Json.{Json}
 use Rattle.model.specs.Members.{Body, as_text, as_truth, changing, entry_named, flag_in, formed, if_any, levels, member_names, object_in, principal_in, text_in}
 use Rattle.model.specs.declared.metadata_bodies.NewMaster.{NewMaster}
-use Rattle.model.specs.declared.metadata_bodies.SpelledType.{SpelledType}
 use Rattle.model_requests.specs.Requests.{Request, adds_field, adds_object, adds_sharing_rule, adds_validation_rule, sets_object, shares}
 use Rattle.model.specs.declared.sharing_bodies.SpelledSource.TheVariants.{Owner, Criteria}
 use Rattle.model.specs.declared.sharing_bodies.SpelledSource.{SpelledSource}

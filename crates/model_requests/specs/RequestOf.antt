@@ -1,9 +1,7 @@
 -- The request that a route and a body make, and what a user's message comes to in the organisation.
--- Source of percent triplets: RFC 3986, section 2.1. That a body which isn't of its form is refused first is this product's own.
-use Rattle.std.specs.Prelude.{ℕ, not, ◌&&◌, if◌then◌else◌, List, encode_utf8_all, Option, Some, None, Result, Ok, Err}
+-- That a body which isn't of its form is refused first is this product's own.
+use Rattle.std.specs.Prelude.{ℕ, Bool, not, ◌&&◌, if◌then◌else◌, List, Option, Some, None, Result, Ok, Err}
 use Rattle.std.specs.Option.{option_map}
-use Rattle.std.specs.Str.{chars, is_utf8}
-use Rattle.percent_encoding.specs.Percent.{percent_decode}
 use Rattle.base_json.specs.Reading.{◌>>=◌}
 use Rattle.soql.specs.declared.query.Query.{Query}
 use Rattle.soql.specs.grammar.Spelling.{reads_query}
@@ -13,7 +11,7 @@ use Rattle.model.specs.declared.reply.Reply.{Reply}
 use Rattle.model_requests.specs.declared.route.Route.{Route}
 use Rattle.model_requests.specs.declared.route.Route.TheVariants as route
 use Rattle.model_requests.specs.declared.routed.Routed.{Routed}
-use Rattle.model_requests.specs.declared.routed.Routed.TheVariants.{To, NotFound, NotAllowed}
+use Rattle.model_requests.specs.declared.routed.Routed.TheVariants.{To, Reads, NotFound, NotAllowed}
 use Rattle.model_requests.specs.Forms.{field_request, object_change_request, object_request, share_request, sharing_rule_request, validation_request}
 use Rattle.model.specs.Asker.{stepped}
 use Rattle.model.specs.Members.{Body, assignments, body_in, principal_in}
@@ -25,6 +23,8 @@ use Rattle.model_requests.specs.Routing.{is_administration, routed}
 use Rattle.model.specs.Step.{Message, query_text}
 use Rattle.model.specs.Tenant.{Tenant}
 use Rattle.model.specs.Verdict.{Verdict, refuse}
+use Rattle.model_reads.specs.Parts.{value_part}
+use Rattle.model_reads.specs.Reads.{for_administrators, read_verdict}
 
 -- the request of a query, or the byte at which the token begins that can't be there
 abbrev pub query_or : Result Query ℕ → Result Request Refusal
@@ -38,10 +38,6 @@ request_or (Some request) = Ok request
 
 abbrev pub by_body : (bytes : List ℕ) → (Body → Option Request) → Result Request Refusal
 by_body bytes form = request_or (body_in bytes >>= form)
-
--- the value in the path of an upsert, with its percent triplets decoded; none where these bytes aren't UTF-8
-abbrev pub value_part : List ℕ → Option (List ℕ)
-value_part part = let bytes = percent_decode (encode_utf8_all part) in if is_utf8 bytes then Some (chars bytes) else None
 
 -- the request that a route and a body make, or why there is none
 unfoldable pub request_of : Route → (body : List ℕ) → Result Request Refusal
@@ -79,16 +75,21 @@ abbrev pub verdict_or : Asked → Result Request Refusal → Verdict
 verdict_or a (Ok request) = verdict_on a request
 verdict_or a (Err refusal) = refuse a.tenant refusal
 
--- no such path, another method, no administrator; then the form of the body, and the request itself
-abbrev pub verdict_at : Asked → (body : List ℕ) → Routed → Verdict
-verdict_at a body NotFound = refuse a.tenant refusal.NotFound
-verdict_at a body NotAllowed = refuse a.tenant refusal.MethodNotAllowed
-verdict_at a body (To r) =
-    if is_administration r && not a.user.admin then refuse a.tenant refusal.AdminRequired else verdict_or a (request_of r body)
+-- the verdict, unless it is for administrators and who asks is none
+abbrev pub unless_barred : Asked → (for_administrators : Bool) → Verdict → Verdict
+unless_barred a for_administrators verdict =
+    if for_administrators && not a.user.admin then refuse a.tenant refusal.AdminRequired else verdict
+
+-- no such path, another method, no administrator; then the form of the body, and the request itself, in the organisation with this number
+abbrev pub verdict_at : (org : ℕ) → Asked → (body : List ℕ) → Routed → Verdict
+verdict_at org a body NotFound = refuse a.tenant refusal.NotFound
+verdict_at org a body NotAllowed = refuse a.tenant refusal.MethodNotAllowed
+verdict_at org a body (To r) = unless_barred a (is_administration r) (verdict_or a (request_of r body))
+verdict_at org a body (Reads r) = unless_barred a (for_administrators r) (read_verdict org a r)
 
 -- the reply to a user's message, and the organisation after it: what is done before each request is done first, whatever the message comes to
-abbrev pub answer_to : Asked → Message → Reply × Tenant
-answer_to a m =
+abbrev pub answer_to : (org : ℕ) → Asked → Message → Reply × Tenant
+answer_to org a m =
     let b = stepped a in
-    let v = verdict_at b m.body (routed m.method m.target) in
+    let v = verdict_at org b m.body (routed m.method m.target) in
     (reply_of b v.answer, v.tenant)

@@ -1,12 +1,14 @@
 -- Which request a method and a target ask for. The routes are this product's own, after Salesforce's REST API.
-use Rattle.std.specs.Prelude.{ℕ, Bool, true, false, ◌==◌, if◌then◌else◌, List, [], ◌∷◌, bytes_eq, codes, slice_index_or, Option, Some, None, is_some}
+use Rattle.std.specs.Prelude.{ℕ, ◌+◌, ◌*◌, ◌-◌, Bool, true, false, ◌==◌, ◌&&◌, nat_le, if◌then◌else◌, List, [], ◌∷◌, ◌++◌, take, drop, bytes_eq, codes, slice_index_or, Option, Some, None, is_some}
 use Rattle.std.specs.List.{list_any, before_first, after_first}
 use Rattle.std.specs.Option.{option_map}
 use Rattle.form_urlencoded.specs.Form.{split}
+use Rattle.model_reads.specs.declared.read.Read.{Read}
+use Rattle.model_reads.specs.declared.read.Read.TheVariants as read
 use Rattle.model_requests.specs.declared.route.Route.{Route}
 use Rattle.model_requests.specs.declared.route.Route.TheVariants as route
 use Rattle.model_requests.specs.declared.routed.Routed.{Routed}
-use Rattle.model_requests.specs.declared.routed.Routed.TheVariants.{To, NotFound, NotAllowed}
+use Rattle.model_requests.specs.declared.routed.Routed.TheVariants.{To, Reads, NotFound, NotAllowed}
 
 -- ---- paths and patterns
 
@@ -33,10 +35,14 @@ parts_by _ _ = None
 pub record Line : Type 0 where
   pub method : List ℕ
   pub pattern : List ℕ
-  pub made : (query : List ℕ) → (parts : List (List ℕ)) → Route
+  pub made : (query : List ℕ) → (parts : List (List ℕ)) → Routed
 
 abbrev pub line : List ℕ → List ℕ → (List ℕ → List (List ℕ) → Route) → Line
-line method pattern made = record { method = method; pattern = pattern; made = made }
+line method pattern made = record { method = method; pattern = pattern; made = λ query parts. To (made query parts) }
+
+-- the line of a read, which is asked for by GET
+abbrev pub reading : List ℕ → (List ℕ → List (List ℕ) → Read) → Line
+reading pattern made = record { method = codes "GET"; pattern = pattern; made = λ query parts. Reads (made query parts) }
 
 -- part n of a path
 abbrev pub part : ℕ → List (List ℕ) → List ℕ
@@ -45,6 +51,7 @@ part n parts = slice_index_or parts n []
 unfoldable pub lines : List Line
 lines =
     line (codes "GET") (codes "/services/data/v59.0/query") (λ q p. route.Query q)
+    ∷ line (codes "GET") (codes "/services/data/v59.0/queryAll") (λ q p. route.Query q)
     ∷ line (codes "POST") (codes "/services/data/v59.0/sobjects/{}") (λ q p. route.Create (part 0 p))
     ∷ line (codes "PATCH") (codes "/services/data/v59.0/sobjects/{}/{}") (λ q p. route.Update (part 0 p) (part 1 p))
     ∷ line (codes "DELETE") (codes "/services/data/v59.0/sobjects/{}/{}") (λ q p. route.Delete (part 0 p) (part 1 p))
@@ -70,6 +77,23 @@ lines =
     ∷ line (codes "POST") (codes "/admin/retype") (λ q p. route.BeginRetype)
     ∷ line (codes "GET") (codes "/admin/retype") (λ q p. route.GetRetype)
     ∷ line (codes "DELETE") (codes "/admin/retype") (λ q p. route.CancelRetype)
+    ∷ reading (codes "/services/oauth2/userinfo") (λ q p. read.Caller)
+    ∷ reading (codes "/id/{}/{}") (λ q p. read.Caller)
+    ∷ reading (codes "/services/data") (λ q p. read.Versions)
+    ∷ reading (codes "/services/data/v59.0") (λ q p. read.Resources)
+    ∷ reading (codes "/services/data/v59.0/limits") (λ q p. read.Limits)
+    ∷ reading (codes "/services/data/v59.0/people") (λ q p. read.People)
+    ∷ reading (codes "/services/data/v59.0/sobjects") (λ q p. read.Objects)
+    ∷ reading (codes "/services/data/v59.0/sobjects/{}") (λ q p. read.Object (part 0 p))
+    ∷ reading (codes "/services/data/v59.0/sobjects/{}/{}") (λ q p. read.Record (part 0 p) (part 1 p) q)
+    ∷ reading (codes "/services/data/v59.0/sobjects/{}/{}/{}") (λ q p. read.RecordBy (part 0 p) (part 1 p) (part 2 p) q)
+    ∷ reading (codes "/services/data/v59.0/shares/{}") (λ q p. read.Shares (part 0 p))
+    ∷ reading (codes "/admin/users") (λ q p. read.Users)
+    ∷ reading (codes "/admin/roles") (λ q p. read.Roles)
+    ∷ reading (codes "/admin/groups") (λ q p. read.Groups)
+    ∷ reading (codes "/admin/sharing-rules") (λ q p. read.SharingRules)
+    ∷ reading (codes "/admin/objects") (λ q p. read.ObjectSettings)
+    ∷ reading (codes "/admin/validation-rules/{}") (λ q p. read.ValidationRules (part 0 p))
     ∷ []
 
 -- ---- routing
@@ -84,9 +108,32 @@ without_slash [] = []
 without_slash (c ∷ []) = if c == 47 then [] else c ∷ []
 without_slash (c ∷ d ∷ cs) = c ∷ without_slash (d ∷ cs)
 
+-- ---- versions
+
+-- two digits that spell a number from 26 to 99
+abbrev pub is_version : ℕ → ℕ → Bool
+is_version c d = (nat_le 48 c && nat_le c 57) && ((nat_le 48 d && nat_le d 57) && nat_le 26 (10 * (c - 48) + (d - 48)))
+
+-- the end of a path or of a part of it
+abbrev pub is_part_end : List ℕ → Bool
+is_part_end [] = true
+is_part_end (c ∷ cs) = c == 47
+
+-- the rest of a version behind its `v`: two digits and `.0`
+abbrev pub begins_with_version : List ℕ → Bool
+begins_with_version (c ∷ d ∷ e ∷ f ∷ rest) = is_version c d && ((e == 46) && ((f == 48) && is_part_end rest))
+begins_with_version _ = false
+
+-- a version from 26 on that a client knows is served as version 59
+abbrev pub as_served : List ℕ → List ℕ
+as_served path =
+    if bytes_eq (take 16 path) (codes "/services/data/v") && begins_with_version (drop 16 path)
+    then codes "/services/data/v59.0" ++ drop 20 path
+    else path
+
 -- the path of a target ends before the first `?`
 abbrev pub path_of : List ℕ → List ℕ
-path_of target = without_slash (before_first is_question target)
+path_of target = as_served (without_slash (before_first is_question target))
 
 -- the query string of a target is behind it
 abbrev pub query_of : List ℕ → List ℕ
@@ -97,22 +144,22 @@ abbrev pub parts_of : List ℕ → Line → Option (List (List ℕ))
 parts_of target l = parts_by (segments l.pattern) (segments (path_of target))
 
 -- the request, where the target has the line's pattern and the method is the line's
-abbrev pub route_by : (method target : List ℕ) → Line → Option Route
+abbrev pub route_by : (method target : List ℕ) → Line → Option Routed
 route_by method target l = if bytes_eq method l.method then option_map (l.made (query_of target)) (parts_of target l) else None
 
 -- the first of two, if there is one
-abbrev pub or_else : Option Route → Option Route → Option Route
+abbrev pub or_else : Option Routed → Option Routed → Option Routed
 or_else None other = other
 or_else (Some r) other = Some r
 
 -- the request of the first line that gives one
-abbrev pub first_route : (method target : List ℕ) → List Line → Option Route
+abbrev pub first_route : (method target : List ℕ) → List Line → Option Routed
 first_route method target [] = None
 first_route method target (l ∷ ls) = or_else (route_by method target l) (first_route method target ls)
 
 -- a target of no line isn't found, another method isn't allowed
-abbrev pub or_none : Bool → Option Route → Routed
-or_none is_path (Some r) = To r
+abbrev pub or_none : Bool → Option Routed → Routed
+or_none is_path (Some r) = r
 or_none true None = NotAllowed
 or_none false None = NotFound
 

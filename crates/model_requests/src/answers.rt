@@ -13,15 +13,17 @@ ghost use Rattle.model_invariant.specs.Fit.{IsCaller};
 use crate::fits::requests_fit;
 use crate::verdicts::verdicts_sound;
 use model::tenant_laws;
+use model_reads::read_laws;
 
 /// What the answer to any message of a caller leaves of a sound organisation is sound. The call does nothing.
 pub fn answers_sound()
-    ensures answer { (a : Asked) (m : Message) → IsCaller a
-        → IsSound a.tenant → IsSound (answer_to a m).1 }
+    ensures answer { (org : ℕ) (a : Asked) (m : Message) → IsCaller a
+        → IsSound a.tenant → IsSound (answer_to org a m).1 }
 {
     requests_fit();
     verdicts_sound();
     tenant_laws();
+    read_laws();
 }
 
 /// What a step of the world leaves of sound organisations is sound, at a moment of the calendar. The call does nothing.

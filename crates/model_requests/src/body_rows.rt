@@ -11,7 +11,7 @@ ghost use Rattle.model.specs.declared.metadata_bodies.SpelledType.TheVariants.{P
 ghost use Rattle.model.specs.declared.record_bodies.Given.TheVariants as gives;
 ghost use Rattle.model.specs.declared.sharing_bodies.SpelledSource.TheVariants.{Criteria};
 ghost use Rattle.model_requests.specs.PeopleForms.{group_request, role_request, user_change_request, user_request};
-ghost use Rattle.model_requests.specs.RequestOf.{value_part};
+ghost use Rattle.model_reads.specs.Parts.{value_part};
 ghost use Rattle.model_requests.specs.Requests.{adds_group, adds_object, adds_role, adds_sharing_rule, adds_user, sets_object, sets_user, shares};
 ghost use Rattle.model.specs.TypeForms.{type_of};
 ghost use Rattle.model_requests.specs.WorkedForms.{apart_object, by_text, change_body, change_read, from_role, hierarchy_member, number_member, object_body, private_object, rule_body, share_body, share_read, text_member, type_body, user_body, validation_body};

@@ -30,7 +30,7 @@ pub fn step_laws()
     ensures user { (w : World) (m : Message) (c : Caller) → caller_by w m ≡ Some c → (t : Tenant) × (u : User) × IsUser w c t u }
     ensures answered { (w : World) (m : Message) (now : ℕ) (c : Caller) (t : Tenant) (u : User) → IsUser w c t u
         → in_org w c.org (answered c m now)
-        ≡ ((answer_to (asking t now u) m).0, with_tenant w c.org (answer_to (asking t now u) m).1) }
+        ≡ ((answer_to c.org (asking t now u) m).0, with_tenant w c.org (answer_to c.org (asking t now u) m).1) }
 
     // The same organisation in its place is the same world.
     ensures same { (w : World) (org : ℕ) (t : Tenant) → tenant_at w org ≡ Some t → with_tenant w org t ≡ w }

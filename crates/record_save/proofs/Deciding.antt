@@ -49,7 +49,7 @@ use Rattle.record_save.specs.upsert.Upserting.{PlansEither}
 use Rattle.record_save.specs.declared.upsert.finding.FoundKey.{FoundKey}
 use Rattle.record_save.specs.declared.upsert.upsert.Upserted.{Upserted}
 use Rattle.record_save.specs.upsert.inner.Deciding.{Allows, DecidesAllowed, DecidesByKey, DecidesGiven, answered_upsert, changed, made, may_edit}
-use Rattle.record_save.specs.upsert.inner.Finding.{FindsKept, numbered_field}
+use Rattle.record_save.specs.upsert.Finding.{FindsKept, numbered_field}
 use Rattle.base_value.specs.declared.sharing.Level.{Level}
 use Rattle.base_value.specs.declared.sharing.Level.TheVariants.{Edit, Nothing}
 use Rattle.base_value.specs.declared.value.Value.{Value}

@@ -24,7 +24,7 @@ use Rattle.store_abstraction.specs.declared.fail.EditFail.TheVariants.{Refused, 
 use Rattle.store_abstraction.specs.declared.layout.FieldPlace.{FieldPlace}
 use Rattle.store_abstraction.specs.declared.layout.Layout.{Layout}
 use Rattle.record_save.specs.declared.upsert.finding.FoundKey.{FoundKey}
-use Rattle.record_save.specs.upsert.inner.Finding.{FindsKey, NamesField, ReadsValue}
+use Rattle.record_save.specs.upsert.Finding.{FindsKey, NamesField, ReadsValue}
 use Rattle.base_value.specs.Types.{is_type}
 use Rattle.base_value.specs.Values.{valid}
 use Rattle.base_value.specs.declared.value.Value.{Value}

@@ -18,7 +18,7 @@ use Rattle.record_target.specs.declared.kept.KeptRecord.{KeptRecord}
 use Rattle.record_constraints.proofs.Searching.{find_has}
 use Rattle.store_abstraction.specs.Plan.{OrgPlan}
 use Rattle.store_abstraction.specs.declared.layout.Layout.{Layout}
-use Rattle.record_save.specs.upsert.inner.Finding.{FindsKept, kept_there}
+use Rattle.record_save.specs.upsert.Finding.{FindsKept, kept_there}
 use Rattle.base_value.specs.declared.value.Value.{Value}
 
 pub has_record : (t : Tenant) (n position : ℕ) (v : Value) (r : Record) → record_by_value t n position v ≡ Some r → Has t.records r × (is_of n r ≡ true)

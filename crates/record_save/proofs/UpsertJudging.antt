@@ -38,7 +38,7 @@ use Rattle.record_save.specs.declared.upsert.finding.FoundKey.{FoundKey}
 use Rattle.record_save.specs.declared.upsert.upsert.Upsert.{Upsert}
 use Rattle.record_save.specs.declared.upsert.upsert.Upserted.{Upserted}
 use Rattle.record_save.specs.upsert.inner.Deciding.{DecidesByKey, answered_upsert}
-use Rattle.record_save.specs.upsert.inner.Finding.{FindsKey, IsKey, numbered_field, on_key}
+use Rattle.record_save.specs.upsert.Finding.{FindsKey, IsKey, numbered_field, on_key}
 
 -- ---- what other crates say
 

@@ -26,4 +26,4 @@ pub use crate::creating::decide_create;
 pub use crate::laws::{create_laws, update_laws};
 pub use crate::update::Update;
 pub use crate::updating::decide_update;
-pub use crate::upsert::{Upsert, Upserted};
+pub use crate::upsert::{FoundKey, Upsert, Upserted, found_key, found_record};

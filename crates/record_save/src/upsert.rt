@@ -9,4 +9,5 @@ mod finding;
 mod upsert;
 mod upserting;
 
+pub use self::finding::{FoundKey, found_key, found_record};
 pub use self::upsert::{Upsert, Upserted};

@@ -49,7 +49,7 @@ same_does stands d e s after (Err f) is h = h
 -- ---- a caller's request
 
 module _ (c : Caller) (m : Message) (close : Bool) (now : ℕ) (before after : Tables) where
-  replied : (a : Asked) (j : Judged Reply) → RepliesAt c.org a (verdict_of m a) after (Ok j) → Judges (StandsFor c.org) (request_does m close a) (Some a.tenant) after (Ok (in_bytes m.method close j))
+  replied : (a : Asked) (j : Judged Reply) → RepliesAt c.org a (verdict_of c.org m a) after (Ok j) → Judges (StandsFor c.org) (request_does c.org m close a) (Some a.tenant) after (Ok (in_bytes m.method close j))
   replied a (Same r) h = (ap (bytes_of m close) h.0, ap Some h.1)
   replied a (Changed r) h = (ap (bytes_of m close) h.0, h.1)
 
@@ -57,13 +57,13 @@ module _ (c : Caller) (m : Message) (close : Bool) (now : ℕ) (before after : T
   change_of (Same r) h = h
   change_of (Changed r) h = h
 
-  pub request_judged : (j : Judged Reply) (r : Returned) → IsBytes m.method close j r → Responds c.org (IsAsking c now) (verdict_of m) before after (Ok j) → JudgesRequest c m close now before after r
+  pub request_judged : (j : Judged Reply) (r : Returned) → IsBytes m.method close j r → Responds c.org (IsAsking c now) (verdict_of c.org m) before after (Ok j) → JudgesRequest c m close now before after r
   request_judged j r is h = record {
     others = by_bytes (λ x. IsChange x → KeepsOthers c.org before after) m.method close j r is (λ change. h.others (change_of j change)) (λ none. absurd none);
-    judged = λ q t u s asks. by_bytes (Judges (StandsFor c.org) (request_does m close (asking t now u)) (Some t) after) m.method close j r is (replied (asking t now u) j (h.replied q (asking t now u) s asks)) (λ d. cc);
+    judged = λ q t u s asks. by_bytes (Judges (StandsFor c.org) (request_does c.org m close (asking t now u)) (Some t) after) m.method close j r is (replied (asking t now u) j (h.replied q (asking t now u) s asks)) (λ d. cc);
   }
 
-  pub request_failed : (e : StoreFail) → Responds c.org (IsAsking c now) (verdict_of m) before after (Err e) → JudgesRequest c m close now before after (Err e)
+  pub request_failed : (e : StoreFail) → Responds c.org (IsAsking c now) (verdict_of c.org m) before after (Err e) → JudgesRequest c m close now before after (Err e)
   request_failed e h = record { others = λ none. absurd none; judged = λ q t u s asks. h.replied q (asking t now u) s asks }
 
 -- the reply is of its form

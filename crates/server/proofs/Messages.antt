@@ -17,7 +17,7 @@ use Rattle.store_abstraction.specs.declared.judged.Judged.{Judged}
 use Rattle.store_abstraction.specs.declared.judged.Judged.TheVariants.{Changed, Same}
 use Rattle.model.specs.Bounds.{request_gone}
 use Rattle.store_abstraction.proofs.Ended.{done, kept_if_failed, others_stay, unchanged}
-use Rattle.server.specs.Own.{Asks, DoesBy, DoesUnnamed, IsStepped, IsSmall, JudgesBy, JudgesNamed, JudgesReply, JudgesUnnamed, KeepsIfSame, Replies, after_step, judged_bytes, message_changes, message_shown_beside, own_does, unnamed_bytes}
+use Rattle.server.specs.Own.{Asks, DoesBy, DoesUnnamed, IsSmall, IsStepped, JudgesBy, JudgesNamed, JudgesReply, JudgesUnnamed, KeepsIfSame, Replies, after_step, asked_shown, judged_bytes, message_changes, message_shown_beside, own_does, unnamed_bytes}
 use Rattle.server.specs.Requests.{in_bytes}
 
 abbrev Returned : Type 0
@@ -197,8 +197,9 @@ module _ {K : Type 0} (state : K → KeeperState) (d e : Held K) (new : KeeperSt
     shown = λ told.
         let most = works.shows (told.0, finishes.steps.stood told.1) in
         let none : removals_of state data_table d ≡ 0 = ap (removals data_table) empty in
+        let at : asked_shown m (removals_of state data_table d) ≡ asked_shown m 0 = ap (asked_shown m) none in
         let same : new.shown data_table ≡ (state e.keeper.now).shown data_table = ap (λ (f : ℕ → ℕ). f data_table) finishes.shown in
-        omega (arith, most, none, same);
+        omega (arith, most, none, at, same);
     told = λ told. still_tells first drafted new j r (ends told);
   }
 

@@ -26,9 +26,11 @@ use Rattle.store_abstraction.specs.declared.judged.Judged.{Judged}
 use Rattle.store_abstraction.specs.declared.judged.Judged.TheVariants.{Changed, Same}
 use Rattle.model.specs.Asker.{IsAsking}
 use Rattle.model.specs.Bounds.{request_changes, request_gone}
-use Rattle.model.specs.Shown.{shown_beside}
+use Rattle.model_requests.specs.FurtherShown.{routed_shown}
+use Rattle.model_requests.specs.declared.routed.Routed.{Routed}
+use Rattle.model_requests.specs.declared.routed.Routed.TheVariants.{Reads}
 use Rattle.model.specs.Asker.{asking}
-use Rattle.server.specs.Own.{IsJudged, IsSmall, JudgesCaller, JudgesReply, after_step, bytes_of, message_changes, message_further, message_shown_beside}
+use Rattle.server.specs.Own.{IsJudged, IsSmall, JudgesCaller, JudgesReply, after_step, asked_shown, bytes_of, message_changes, message_shown_beside}
 use Rattle.server.specs.Requests.{in_bytes}
 use Rattle.server.specs.inner.Steps.{IsInForm, JudgesRequest, request_does, verdict_of}
 use Rattle.server.proofs.Judging.{same_does}
@@ -45,14 +47,14 @@ module _ (users_kept : (t : Tenant) → (job_step t).users ≡ t.users) (c : Cal
 
   -- what answers the caller is what answers the user after the step
   answered_is : (t : Tenant) (u : User) → IsAsking c now (asking t now u)
-      → answered c m now t ≡ (reply_of (asking (job_step t) now u) (verdict_of m (asking (job_step t) now u)).answer, (verdict_of m (asking (job_step t) now u)).tenant)
-  answered_is t u h = ap (λ o. in_case o (refused InvalidSession t) (λ v. answer_to (asking t now v) m)) h.user
+      → answered c m now t ≡ (reply_of (asking (job_step t) now u) (verdict_of c.org m (asking (job_step t) now u)).answer, (verdict_of c.org m (asking (job_step t) now u)).tenant)
+  answered_is t u h = ap (λ o. in_case o (refused InvalidSession t) (λ v. answer_to c.org (asking t now v) m)) h.user
 
   -- a caller's message as an operation
   abbrev does_to : Tenant → Option Tenant → List ℕ × Option Tenant
   does_to t s = (bytes_of m close (answered c m now t).0, Some (answered c m now t).1)
 
-  does_same : (t : Tenant) (u : User) → IsAsking c now (asking t now u) → (s : Option Tenant) → request_does m close (asking (job_step t) now u) s ≡ does_to t s
+  does_same : (t : Tenant) (u : User) → IsAsking c now (asking t now u) → (s : Option Tenant) → request_does c.org m close (asking (job_step t) now u) s ≡ does_to t s
   does_same t u h s = ap (λ (r : Reply × Tenant). (bytes_of m close r.0, Some r.1)) (sym (answered_is t u h))
 
   module _ (before mid after : Tables) where
@@ -84,7 +86,7 @@ module _ (users_kept : (t : Tenant) → (job_step t).users ≡ t.users) (c : Cal
       judged = λ q t u s asks.
           let there = met made same_before q t s (step.stepped q t s) in
           judged_behind made r same_after t (step.stepped q t s)
-          (same_does (StandsFor c.org) (request_does m close (asking (job_step t) now u)) (does_to t) (Some (job_step t)) after r (does_same t u asks (Some (job_step t)))
+          (same_does (StandsFor c.org) (request_does c.org m close (asking (job_step t) now u)) (does_to t) (Some (job_step t)) after r (does_same t u asks (Some (job_step t)))
           (h.judged there.0 (job_step t) u there.1 (still_asks t u asks)));
     }
 
@@ -147,7 +149,7 @@ module _ {K : Type 0} (state : K → KeeperState) (m : Message) (a b d : Held K)
   abbrev Most : ℕ
   Most = message_shown_beside m (removals_of state data_table a)
 
-  module _ (first : DraftsStep state (Ok made) a b) (second : Drafts state request_changes request_gone (shown_beside (message_further m) (removals_of state data_table b)) r b d) where
+  module _ (first : DraftsStep state (Ok made) a b) (second : Drafts state request_changes request_gone (asked_shown m (removals_of state data_table b)) r b d) where
     -- unless the request changes something, the changes are those of the step
     pub same_count : IsSame r → count_of d ≡ count_of b
     same_count is = ap length (second.same is).changes
@@ -170,6 +172,11 @@ module _ {K : Type 0} (state : K → KeeperState) (m : Message) (a b d : Held K)
       changing = some_made made r (count_of b) (count_of d) (λ is. first.changing (ap Ok is)) second.changing same_count;
       same = λ is. let none = not_made made r is in reads none.0 none.1;
     }
+
+-- over a draft that removes more no fewer are shown
+pub shown_more : (r : Routed) (removed more : ℕ) → removed ≤ more → routed_shown r removed ≤ routed_shown r more
+shown_more (Reads read) removed more few = omega arith
+shown_more _ removed more few = omega arith
 
 -- a step that failed
 pub drafts_failed : {K : Type 0} (state : K → KeeperState) (m : Message) (a b : Held K) (e : StoreFail) → Makes state message_changes request_gone (message_shown_beside m (removals_of state data_table a)) (ended {X = Bool} (Err e)) a b

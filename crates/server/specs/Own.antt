@@ -25,8 +25,7 @@ use Rattle.store_abstraction.specs.Plan.{OrgPlan}
 use Rattle.model.specs.Asker.{IsAsking}
 use Rattle.model_requests.specs.Own.{own_step}
 use Rattle.model.specs.Bounds.{request_changes}
-use Rattle.model_requests.specs.FurtherShown.{further_shown}
-use Rattle.model.specs.Shown.{request_shown, shown_beside}
+use Rattle.model_requests.specs.FurtherShown.{routed_shown}
 use Rattle.model.specs.Asker.{asking}
 use Rattle.server.specs.Requests.{in_bytes, message_in}
 
@@ -93,17 +92,17 @@ DoesMessage m now old new result = DoesBy (key_in (message_in m)) (message_in m)
 abbrev pub message_changes : ℕ
 message_changes = step_changes + request_changes
 
--- those that are shown for the parents and children of a query's rows
-abbrev pub message_further : Message → ℕ
-message_further m = further_shown (routed m.method m.target)
+-- the data rows that are shown to a message's request at most, over a draft that removes so many
+abbrev pub asked_shown : Message → (removed : ℕ) → ℕ
+asked_shown m removed = routed_shown (routed m.method m.target) removed
 
 -- the most data rows that are shown to a message
 abbrev pub message_shown : Message → ℕ
-message_shown m = step_shown + (request_shown + message_further m)
+message_shown m = step_shown + asked_shown m 0
 
 -- the same over a draft that removes so many, which may be among those that the step reads, too
 abbrev pub message_shown_beside : Message → (removed : ℕ) → ℕ
-message_shown_beside m removed = (step_shown + removed) + shown_beside (message_further m) removed
+message_shown_beside m removed = (step_shown + removed) + asked_shown m removed
 
 -- what is judged once a step was made, or where there was none: what a step changed is to be made, whatever the request changes
 abbrev pub after_step : {X : Type 0} → (made : Bool) → Result (Judged X) StoreFail → Result (Judged X) StoreFail

@@ -11,11 +11,10 @@ ghost use Rattle.store_abstraction.specs.Calls.{Calls, ended};
 ghost use Rattle.store_abstraction.specs.Operations.{Drafts};
 ghost use Rattle.store_abstraction.specs.Stands.{Stands};
 ghost use Rattle.model.specs.Bounds.{request_changes, request_gone};
-ghost use Rattle.model.specs.Shown.{shown_beside};
 ghost use Rattle.model_requests.specs.Step.{step};
 ghost use Rattle.base_value.specs.Dates.{is_moment};
 ghost use Rattle.server.specs.Leads.{LeadsFrom};
-ghost use Rattle.server.specs.Own.{Asks, AsksFirst, DoesMessage, IsMoving, IsStepped, JudgesCaller, JudgesMessage, JudgesReply, JudgesUnnamed, Replies, after_step, message_changes, message_further, message_shown_beside};
+ghost use Rattle.server.specs.Own.{Asks, AsksFirst, DoesMessage, IsMoving, IsStepped, JudgesCaller, JudgesMessage, JudgesReply, JudgesUnnamed, Replies, after_step, asked_shown, message_changes, message_shown_beside};
 ghost use Rattle.server.specs.Requests.{message_in};
 ghost use Rattle.server.specs.Senses.{Sense, StandsAs, is_apart};
 ghost use Rattle.server.specs.inner.Steps.{IsInForm, JudgesRequest};
@@ -93,8 +92,8 @@ fn judge_request<K: Keeper>(
         → JudgesRequest caller.now (message_in message.now) message.now.close now (tables_of K.state draft.old)
         (tables_of K.state draft.new) result }
     ensures form { IsInForm (message_in message.now) message.now.close result }
-    ensures drafts { Drafts K.state request_changes request_gone (shown_beside (message_further (message_in message.now)) (removals_of K.state data_table draft.old)) result
-        draft.old draft.new }
+    ensures drafts { Drafts K.state request_changes request_gone (asked_shown (message_in message.now) (removals_of K.state data_table draft.old)) result draft.old
+        draft.new }
 {
     call_laws::<K>();
     match respond(

@@ -1,26 +1,22 @@
 -- What finding what a share names comes to: its record, and its principal. No public contract reaches these words.
 -- Source: Salesforce, "Record-Level Security", "Manual Sharing". The order of the rules is this product's own.
 use Rattle.std.specs.Prelude.{◌≡◌, ◌≢◌, if◌then◌else◌, List, [], ◌∷◌, IsTrue, codes, ℕ, Option, Some, None, Result, Ok, Err}
-use Rattle.std.specs.Option.{option_and_then}
+use Rattle.access_shares.specs.Shareable.{readable_at}
 use Rattle.store_rows.specs.declared.fail.StoreFail.{StoreFail}
 use Rattle.store_rows.specs.declared.fail.StoreFail.TheVariants.{Damaged}
-use Rattle.store_edit.specs.Edits.{FailsBy}
 use Rattle.model.specs.declared.record.Record.{Record}
 use Rattle.model.specs.declared.refusal.Refusal.TheVariants.{NotFound}
 use Rattle.model.specs.Levels.{at_least, level}
 use Rattle.model.specs.Objects.{record_at}
-use Rattle.model.specs.Paths.{Asked, if_readable}
+use Rattle.model.specs.Paths.{Asked}
 use Rattle.model.specs.Principals.{bad_id, spelled_id}
-use Rattle.model.specs.Rights.{denied, on_readable}
-use Rattle.model.specs.Rules.{MemberRules, Rule}
-use Rattle.model.specs.Shares.{detail_refused}
+use Rattle.model.specs.Rules.{MemberRules}
 use Rattle.model.specs.declared.sharing_bodies.NewShare.{NewShare}
-use Rattle.model.specs.Verdict.{Verdict, judged}
 use Rattle.store_abstraction.specs.declared.fail.EditFail.{EditFail}
 use Rattle.store_abstraction.specs.declared.fail.EditFail.TheVariants.{Refused, Store}
 use Rattle.base_value.specs.Id.{is_id}
 use Rattle.base_value.specs.declared.sharing.Level.{Level}
-use Rattle.base_value.specs.declared.sharing.Level.TheVariants.{Full, Read}
+use Rattle.base_value.specs.declared.sharing.Level.TheVariants.{Read}
 
 -- ---- the body
 
@@ -34,10 +30,6 @@ NamesItem text (Ok id) = (id ≡ spelled_id text) × IsTrue (is_id id)
 NamesItem text (Err e) = (e ≡ Refused NotFound) × (spelled_id text ≡ [])
 
 -- ---- the record
-
--- the record with this id, if the user may read it
-abbrev pub readable_at : Asked → (id : List ℕ) → Option Record
-readable_at a id = option_and_then (if_readable a) (record_at a.tenant id)
 
 -- the level, if the record may be read by it
 abbrev pub readable_or_none : Result Level StoreFail → Result Level EditFail
@@ -56,17 +48,3 @@ abbrev pub FindsLevel : Asked → (id : List ℕ) → Result Level EditFail → 
 FindsLevel a id (Ok l) = IsLevelOn a id l
 FindsLevel a id (Err (Refused r)) = (readable_at a id ≡ None) × (r ≡ NotFound)
 FindsLevel a id (Err (Store e)) = e ≢ Damaged
-
--- there is a record with this id that the user may share
-pub record IsShareable (a : Asked) (id : List ℕ) : Type 0 where
-  pub item : Record
-  pub readable : readable_at a id ≡ Some item
-  pub whole : detail_refused a.tenant item ≡ None
-  pub full : denied a Full item ≡ None
-
--- so it is; or it fails as every request does that shares the record or ends a share of it
-abbrev pub FindsShareable : Asked → (id : List ℕ) → Result (Unit {0}) EditFail → Type 0
-FindsShareable a id (Ok x) = IsShareable a id
-FindsShareable a id (Err e) =
-    (rest : Record → List Rule) (after : Record → Verdict)
-    → FailsBy (on_readable a (record_at a.tenant id) (λ r. judged a.tenant (detail_refused a.tenant r ∷ denied a Full r ∷ rest r) (after r))) e

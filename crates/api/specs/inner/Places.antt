@@ -22,6 +22,7 @@ in_admin pieces = text (codes "admin") ∷ pieces
 -- the pattern of a place
 abbrev pub pieces_of : Place → List Piece
 pieces_of place.Query = in_data (text (codes "query") ∷ [])
+pieces_of place.QueryAll = in_data (text (codes "queryAll") ∷ [])
 pieces_of place.Object = in_data (text (codes "sobjects") ∷ param ∷ [])
 pieces_of place.Record = in_data (text (codes "sobjects") ∷ param ∷ param ∷ [])
 pieces_of place.External = in_data (text (codes "sobjects") ∷ param ∷ param ∷ param ∷ [])
@@ -42,6 +43,15 @@ pieces_of place.Groups = in_admin (text (codes "groups") ∷ [])
 pieces_of place.Group = in_admin (text (codes "groups") ∷ param ∷ [])
 pieces_of place.Organisation = in_admin (text (codes "organisation") ∷ [])
 pieces_of place.Retype = in_admin (text (codes "retype") ∷ [])
+pieces_of place.UserInfo = text (codes "services") ∷ text (codes "oauth2") ∷ text (codes "userinfo") ∷ []
+pieces_of place.Identity = text (codes "id") ∷ param ∷ param ∷ []
+pieces_of place.Versions = text (codes "services") ∷ text (codes "data") ∷ []
+pieces_of place.Version = in_data []
+pieces_of place.Limits = in_data (text (codes "limits") ∷ [])
+pieces_of place.People = in_data (text (codes "people") ∷ [])
+pieces_of place.DescribedObjects = in_data (text (codes "sobjects") ∷ [])
+pieces_of place.RecordShares = in_data (text (codes "shares") ∷ param ∷ [])
+pieces_of place.ObjectRules = in_admin (text (codes "validation-rules") ∷ param ∷ [])
 
 -- ---- how a router spells a pattern
 
@@ -76,19 +86,26 @@ route_of p = (
 -- the places, in the order in which they are added
 abbrev pub places : List Place
 places =
-    place.Query ∷ place.Object ∷ place.Record ∷ place.External ∷ place.Shares ∷ place.Share
+    place.Query ∷ place.QueryAll ∷ place.Object ∷ place.Record ∷ place.External ∷ place.Shares ∷ place.Share
     ∷ place.Objects ∷ place.ObjectNamed ∷ place.Fields ∷ place.ValidationRules ∷ place.ValidationRule
     ∷ place.SharingRules ∷ place.SharingRule
     ∷ place.Users ∷ place.User ∷ place.Roles ∷ place.Role ∷ place.Groups ∷ place.Group ∷ place.Organisation
-    ∷ place.Retype ∷ []
+    ∷ place.Retype
+    ∷ place.UserInfo ∷ place.Identity ∷ place.Versions ∷ place.Version ∷ place.Limits ∷ place.People
+    ∷ place.DescribedObjects ∷ place.RecordShares ∷ place.ObjectRules ∷ []
 
 -- in the order of a router: byte by byte, and a longer pattern before one that is its beginning
 abbrev pub ordered_places : List Place
 ordered_places =
     place.Fields ∷ place.Group ∷ place.Groups ∷ place.ObjectNamed ∷ place.Objects ∷ place.Organisation ∷ place.Retype
     ∷ place.Role ∷ place.Roles
-    ∷ place.SharingRule ∷ place.SharingRules ∷ place.User ∷ place.Users ∷ place.ValidationRule ∷ place.ValidationRules
-    ∷ place.Query ∷ place.Share ∷ place.Shares ∷ place.External ∷ place.Record ∷ place.Object ∷ []
+    ∷ place.SharingRule ∷ place.SharingRules ∷ place.User ∷ place.Users
+    ∷ place.ValidationRule ∷ place.ObjectRules ∷ place.ValidationRules
+    ∷ place.Identity
+    ∷ place.Limits ∷ place.People ∷ place.QueryAll ∷ place.Query
+    ∷ place.Share ∷ place.RecordShares ∷ place.Shares
+    ∷ place.External ∷ place.Record ∷ place.Object ∷ place.DescribedObjects
+    ∷ place.Version ∷ place.Versions ∷ place.UserInfo ∷ []
 
 unfoldable pub patterns : List (List ℕ × Place)
 patterns = map (λ p. (spelled (pieces_of p), p)) places

@@ -14,7 +14,7 @@ ghost use Rattle.store_abstraction.specs.Fails.{of_store};
 ghost use Rattle.store_abstraction.specs.Layouts.{IsLayout};
 ghost use Rattle.store_abstraction.specs.Local.{StandsIn};
 ghost use Rattle.store_abstraction.specs.Plan.{OrgPlan};
-ghost use Rattle.record_save.specs.upsert.inner.Finding.{FindsKept, FindsKey, NamesField, ReadsValue, kept_there};
+ghost use Rattle.record_save.specs.upsert.Finding.{FindsKept, FindsKey, NamesField, ReadsValue, kept_there};
 ghost use Rattle.base_value.specs.Types.{is_type};
 ghost use Rattle.base_value.specs.Values.{valid};
 
@@ -30,7 +30,7 @@ use store_rows::StoreFail;
 
 /// A unique field, by its number among the custom fields, and a value of its type.
 #[derive(Drop)]
-pub(crate) struct FoundKey {
+pub struct FoundKey {
     pub number: usize,
     pub value: Value,
 }
@@ -61,7 +61,12 @@ fn read_value(alloc: Global, field: &FieldPlace, text: Option<&Text>) -> Result<
 }
 
 /// The unique field with this name, and the value that a text gives it.
-pub(crate) fn found_key(
+///
+/// # Errors
+///
+/// `Refused` with `InvalidField` if there is no such field, or with why the text gives it no value; `Store` with `Memory` if out of
+/// memory.
+pub fn found_key(
     alloc: Global,
     layout: &Layout,
     key: &Text,
@@ -90,7 +95,12 @@ fn there(found: Result<Option<KeptRecord>, StoreFail>) -> Result<Option<KeptReco
 }
 
 /// The record of an object that has this value in the unique field with this number, if there is one, and its row.
-pub(crate) fn found_record<K: Keeper>(
+///
+/// # Errors
+///
+/// `Keeper` if the keeper failed, `Memory` if out of memory, `Damaged` never if the organisation's rows stand for a tenant whose
+/// layout it is.
+pub fn found_record<K: Keeper>(
     alloc: Global,
     draft: &mut Draft<'_, K>,
     layout: &Layout,

@@ -21,19 +21,19 @@ use Rattle.model.specs.Asker.{asking}
 use Rattle.server.specs.Own.{bytes_of}
 use Rattle.server.specs.Requests.{in_bytes}
 
--- what a message comes to of one who asks in an organisation
-abbrev pub verdict_of : Message → Asked → Verdict
-verdict_of m a = verdict_at a m.body (routed m.method m.target)
+-- what a message comes to of one who asks in the organisation with this number
+abbrev pub verdict_of : (org : ℕ) → Message → Asked → Verdict
+verdict_of org m a = verdict_at org a m.body (routed m.method m.target)
 
 -- the same as an operation: the bytes of the reply, and what becomes of the organisation
-abbrev pub request_does : Message → (close : Bool) → Asked → Option Tenant → List ℕ × Option Tenant
-request_does m close a t = (bytes_of m close (reply_of a (verdict_of m a).answer), Some (verdict_of m a).tenant)
+abbrev pub request_does : (org : ℕ) → Message → (close : Bool) → Asked → Option Tenant → List ℕ × Option Tenant
+request_does org m close a t = (bytes_of m close (reply_of a (verdict_of org m a).answer), Some (verdict_of org m a).tenant)
 
 -- a caller's request, judged over these tables, of which those came: by its verdict, and no step is made
 pub record JudgesRequest (c : Caller) (m : Message) (close : Bool) (now : ℕ) (before after : Tables) (result : Result (Judged (List ℕ)) StoreFail) : Type 0 where
   pub others : IsChange result → KeepsOthers c.org before after
   pub judged : (q : OrgPlan) (t : Tenant) (u : User) → StandsIn c.org q before (Some t) → IsAsking c now (asking t now u)
-      → Judges (StandsFor c.org) (request_does m close (asking t now u)) (Some t) after result
+      → Judges (StandsFor c.org) (request_does c.org m close (asking t now u)) (Some t) after result
 
 -- what was judged is a reply of the form of its route, in bytes
 abbrev pub IsInForm : Message → (close : Bool) → Result (Judged (List ℕ)) StoreFail → Type 0

@@ -1,4 +1,5 @@
-use Rattle.std.proofs.Common.{◌∙◌, ap, sym, subst, arith}
+use Rattle.std.proofs.Common.{ap, sym, subst, arith, false, true}
+use Rattle.model_requests.specs.Routing.{is_administration}
 use Rattle.store_kv.specs.Draft.{removals_of, tables_of}
 use Rattle.store_kv.specs.State.{data_table}
 use Rattle.model_requests.specs.RequestOf.{request_of, verdict_at}
@@ -13,25 +14,25 @@ use Rattle.model.specs.Shown.{shown_beside}
 use Rattle.api.specs.inner.Answers.{AnswersBy}
 use Rattle.api.proofs.Refusing.{refused_so}
 use Rattle.api.proofs.Responses.{drafts_of, form_of, read_responds, refused_calls}
-use Rattle.api.proofs.Verdicts.{administered_drafts, administered_form, administrator_lacks, edit_asked, edited, state_asked}
+use Rattle.api.proofs.Verdicts.{administered_drafts, administered_form, administrator_lacks, barred, edit_asked, edited, state_asked}
 use Rattle.api.proofs.requests.answer.Goals as goal
 
 -- ---- no administrator
 
-pub returns-then-lacks_administrator-clause-what : goal.returns-then-lacks_administrator-clause-what
-returns-then-lacks_administrator-clause-what g c told =
+pub returns-then-is_barred-clause-what : goal.returns-then-is_barred-clause-what
+returns-then-is_barred-clause-what g c told =
     let m = tables_of g.K.Keeper.state c.args.draft.now in
     let caller = c.args.caller.now in
     let route = c.args.route.now in
     let body = c.args.body.now in
-    read_responds caller.org (IsAsking caller c.args.now) (λ a. verdict_at a body (To route)) m m c.refuse.result c.unchanged.result c.unchanged.ensures
-    (λ p a s asking. subst (λ (v : Verdict). AnswersBy a v c.refuse.result) (sym (administrator_lacks route body caller c.args.now a asking (sym c.lacks_administrator.ensures ∙ c.if-lacks_administrator.true))) (refused_so a AdminRequired c.refuse.result c.refuse.ensures.value))
+    read_responds caller.org (IsAsking caller c.args.now) (λ a. verdict_at caller.org a body (To route)) m m c.refuse.result c.unchanged.result c.unchanged.ensures
+    (λ p a s asking. subst (λ (v : Verdict). AnswersBy a v c.refuse.result) (sym (administrator_lacks route body caller c.args.now a asking (barred c.is_administration.result (is_administration c.args.route.now) c.args.caller.now.admin c.is_barred.result true c.is_administration.ensures c.is_barred.ensures c.if-is_barred.true))) (refused_so a AdminRequired c.refuse.result c.refuse.ensures.value))
 
-pub returns-then-lacks_administrator-clause-form : goal.returns-then-lacks_administrator-clause-form
-returns-then-lacks_administrator-clause-form g c = form_of (To c.args.route.now) c.refuse.result c.unchanged.result c.unchanged.ensures c.refuse.ensures.form
+pub returns-then-is_barred-clause-form : goal.returns-then-is_barred-clause-form
+returns-then-is_barred-clause-form g c = form_of (To c.args.route.now) c.refuse.result c.unchanged.result c.unchanged.ensures c.refuse.ensures.form
 
-pub returns-then-lacks_administrator-clause-drafts : goal.returns-then-lacks_administrator-clause-drafts
-returns-then-lacks_administrator-clause-drafts g c =
+pub returns-then-is_barred-clause-drafts : goal.returns-then-is_barred-clause-drafts
+returns-then-is_barred-clause-drafts g c =
     let state = g.K.Keeper.state in
     let laws = c.call_laws.ensures in
     let a = c.args.draft.now in
@@ -46,8 +47,8 @@ returns-in-Query-clause-what g c told =
     let state = g.K.Keeper.state in
     let caller = c.args.caller.now in
     let body = c.args.body.now in
-    read_responds caller.org (IsAsking caller c.args.now) (λ a. verdict_at a body (To c.args.route.now)) (tables_of state c.args.draft.now) (tables_of state c.answer_query.new.draft) c.answer_query.result c.unchanged-in-Query.result c.unchanged-in-Query.ensures
-    (λ p a s asking. subst (λ (r : Route). AnswersBy a (verdict_at a body (To r)) c.answer_query.result) (sym c.in-Query.is) (c.answer_query.ensures.what told p a s asking))
+    read_responds caller.org (IsAsking caller c.args.now) (λ a. verdict_at caller.org a body (To c.args.route.now)) (tables_of state c.args.draft.now) (tables_of state c.answer_query.new.draft) c.answer_query.result c.unchanged-in-Query.result c.unchanged-in-Query.ensures
+    (λ p a s asking. subst (λ (r : Route). AnswersBy a (verdict_at caller.org a body (To r)) c.answer_query.result) (sym c.in-Query.is) (c.answer_query.ensures.what told p a s asking))
 
 pub returns-in-Query-clause-form : goal.returns-in-Query-clause-form
 returns-in-Query-clause-form g c = form_of (To c.args.route.now) c.answer_query.result c.unchanged-in-Query.result c.unchanged-in-Query.ensures c.answer_query.ensures.form
@@ -69,9 +70,9 @@ returns-in-GetRetype-clause-what g c told =
     let state = g.K.Keeper.state in
     let caller = c.args.caller.now in
     let body = c.args.body.now in
-    read_responds caller.org (IsAsking caller c.args.now) (λ a. verdict_at a body (To c.args.route.now)) (tables_of state c.args.draft.now) (tables_of state c.answer_state.new.draft) c.answer_state.result c.unchanged-in-GetRetype.result c.unchanged-in-GetRetype.ensures
+    read_responds caller.org (IsAsking caller c.args.now) (λ a. verdict_at caller.org a body (To c.args.route.now)) (tables_of state c.args.draft.now) (tables_of state c.answer_state.new.draft) c.answer_state.result c.unchanged-in-GetRetype.result c.unchanged-in-GetRetype.ensures
     (λ p a s asking. subst (λ (v : Verdict). AnswersBy a v c.answer_state.result)
-    (sym (state_asked c.args.route.now body caller c.args.now a asking c.in-GetRetype.is (sym c.lacks_administrator.ensures ∙ c.if-lacks_administrator.false))) (c.answer_state.ensures.what told p a s))
+    (sym (state_asked c.args.route.now body caller c.args.now a asking c.in-GetRetype.is (barred c.is_administration.result (is_administration c.args.route.now) c.args.caller.now.admin c.is_barred.result false c.is_administration.ensures c.is_barred.ensures c.if-is_barred.false))) (c.answer_state.ensures.what told p a s))
 
 pub returns-in-GetRetype-clause-form : goal.returns-in-GetRetype-clause-form
 returns-in-GetRetype-clause-form g c = form_of (To c.args.route.now) c.answer_state.result c.unchanged-in-GetRetype.result c.unchanged-in-GetRetype.ensures c.answer_state.ensures.form
@@ -92,7 +93,7 @@ pub returns-in_default-clause-what : goal.returns-in_default-clause-what
 returns-in_default-clause-what g c told =
     let state = g.K.Keeper.state in
     let caller = c.args.caller.now in
-    edited c.args.route.now c.args.body.now caller c.args.now (sym c.lacks_administrator.ensures ∙ c.if-lacks_administrator.false)
+    edited c.args.route.now c.args.body.now caller c.args.now (barred c.is_administration.result (is_administration c.args.route.now) c.args.caller.now.admin c.is_barred.result false c.is_administration.ensures c.is_barred.ensures c.if-is_barred.false)
     caller.org (tables_of state c.args.draft.now) (tables_of state c.answer_edit.new.draft) c.answer_edit.result (c.answer_edit.ensures.what told)
 
 pub returns-in_default-clause-form : goal.returns-in_default-clause-form

@@ -4,7 +4,8 @@ use Rattle.std.specs.Prelude.{Err, FitsSigned, Ok}
 use Rattle.base_lemmas.proofs.Results.{err_from_parts as returned}
 use Rattle.store_kv.specs.Draft.{tables_of}
 use Rattle.model.specs.Upserts.{upsert}
-use Rattle.model_requests.specs.RequestOf.{request_of, value_part}
+use Rattle.model_requests.specs.RequestOf.{request_of}
+use Rattle.model_reads.specs.Parts.{value_part}
 use Rattle.model_requests.specs.Requests.{upserts}
 use Rattle.model.specs.Verdict.{upserted}
 use Rattle.model.specs.declared.record_bodies.Assignment.{Assignment}

@@ -54,3 +54,39 @@ returns-clause-organisation c = refl
 pub returns-clause-ends : goal.returns-clause-ends
 unfolding routed_as lines split
 returns-clause-ends c = refl
+
+pub returns-clause-no_object : goal.returns-clause-no_object
+unfolding routed_as lines split
+returns-clause-no_object c = refl
+
+pub returns-clause-caller : goal.returns-clause-caller
+unfolding routed_as lines split
+returns-clause-caller c = refl
+
+pub returns-clause-record : goal.returns-clause-record
+unfolding routed_as lines split
+returns-clause-record c = refl
+
+pub returns-clause-head_of_read : goal.returns-clause-head_of_read
+unfolding routed_as lines split
+returns-clause-head_of_read c = refl
+
+pub returns-clause-oldest : goal.returns-clause-oldest
+unfolding routed_as lines split
+returns-clause-oldest c = refl
+
+pub returns-clause-newest : goal.returns-clause-newest
+unfolding routed_as lines split
+returns-clause-newest c = refl
+
+pub returns-clause-too_old : goal.returns-clause-too_old
+unfolding routed_as lines split
+returns-clause-too_old c = refl
+
+pub returns-clause-no_version : goal.returns-clause-no_version
+unfolding routed_as lines split
+returns-clause-no_version c = refl
+
+pub returns-clause-longer : goal.returns-clause-longer
+unfolding routed_as lines split
+returns-clause-longer c = refl

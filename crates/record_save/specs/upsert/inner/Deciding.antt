@@ -34,7 +34,7 @@ use Rattle.store_abstraction.specs.declared.layout.Layout.{Layout}
 use Rattle.record_save.specs.upsert.Upserting.{PlansEither}
 use Rattle.record_save.specs.declared.upsert.finding.FoundKey.{FoundKey}
 use Rattle.record_save.specs.declared.upsert.upsert.Upserted.{Upserted}
-use Rattle.record_save.specs.upsert.inner.Finding.{numbered_field}
+use Rattle.record_save.specs.upsert.Finding.{numbered_field}
 use Rattle.base_value.specs.declared.sharing.Level.{Level}
 use Rattle.base_value.specs.declared.sharing.Level.TheVariants.{Edit}
 

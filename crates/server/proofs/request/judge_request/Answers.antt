@@ -17,10 +17,10 @@ returns-in-Ok-clause-what g c told =
     let before = tables_of state c.args.draft.now in
     let after = tables_of state c.respond.new.draft in
     let responds =
-    subst (λ (t : List ℕ). Responds caller.org (IsAsking caller c.args.now) (λ a. verdict_at a m.body (routed m.method t)) before after c.respond.result) c.as_str.ensures.characters
-    (subst (λ (b : List ℕ). Responds caller.org (IsAsking caller c.args.now) (λ a. verdict_at a b (routed m.method (chars c.as_str.result.now))) before after c.respond.result) c.as_slice.ensures (c.respond.ensures.what told)) in
+    subst (λ (t : List ℕ). Responds caller.org (IsAsking caller c.args.now) (λ a. verdict_at caller.org a m.body (routed m.method t)) before after c.respond.result) c.as_str.ensures.characters
+    (subst (λ (b : List ℕ). Responds caller.org (IsAsking caller c.args.now) (λ a. verdict_at caller.org a b (routed m.method (chars c.as_str.result.now))) before after c.respond.result) c.as_slice.ensures (c.respond.ensures.what told)) in
     request_judged caller m c.args.message.now.close c.args.now before after c.in-Ok.judged c.judged_bytes.result c.judged_bytes.ensures
-    (subst (λ r. Responds caller.org (IsAsking caller c.args.now) (λ a. verdict_at a m.body (routed m.method m.target)) before after r) c.in-Ok.is responds)
+    (subst (λ r. Responds caller.org (IsAsking caller c.args.now) (λ a. verdict_at caller.org a m.body (routed m.method m.target)) before after r) c.in-Ok.is responds)
 
 pub returns-in-Err-clause-what : goal.returns-in-Err-clause-what
 returns-in-Err-clause-what g c told =
@@ -30,7 +30,7 @@ returns-in-Err-clause-what g c told =
     let before = tables_of state c.args.draft.now in
     let after = tables_of state c.respond.new.draft in
     let responds =
-    subst (λ (t : List ℕ). Responds caller.org (IsAsking caller c.args.now) (λ a. verdict_at a m.body (routed m.method t)) before after c.respond.result) c.as_str.ensures.characters
-    (subst (λ (b : List ℕ). Responds caller.org (IsAsking caller c.args.now) (λ a. verdict_at a b (routed m.method (chars c.as_str.result.now))) before after c.respond.result) c.as_slice.ensures (c.respond.ensures.what told)) in
+    subst (λ (t : List ℕ). Responds caller.org (IsAsking caller c.args.now) (λ a. verdict_at caller.org a m.body (routed m.method t)) before after c.respond.result) c.as_str.ensures.characters
+    (subst (λ (b : List ℕ). Responds caller.org (IsAsking caller c.args.now) (λ a. verdict_at caller.org a b (routed m.method (chars c.as_str.result.now))) before after c.respond.result) c.as_slice.ensures (c.respond.ensures.what told)) in
     request_failed caller m c.args.message.now.close c.args.now before after c.in-Err.fail
-    (subst (λ r. Responds caller.org (IsAsking caller c.args.now) (λ a. verdict_at a m.body (routed m.method m.target)) before after r) c.in-Err.is responds)
+    (subst (λ r. Responds caller.org (IsAsking caller c.args.now) (λ a. verdict_at caller.org a m.body (routed m.method m.target)) before after r) c.in-Err.is responds)

@@ -7,7 +7,7 @@ use Rattle.model.specs.Given.{record_by_value}
 use Rattle.store_abstraction.specs.Layouts.{FindsOf}
 use Rattle.store_abstraction.specs.Local.{StandsIn}
 use Rattle.record_save.proofs.There.{finds_kept}
-use Rattle.record_save.specs.upsert.inner.Finding.{FindsKept}
+use Rattle.record_save.specs.upsert.Finding.{FindsKept}
 use Rattle.record_save.proofs.upsert.finding.found_record.Goals as goal
 
 pub returns-in-Some-clause-finds : goal.returns-in-Some-clause-finds

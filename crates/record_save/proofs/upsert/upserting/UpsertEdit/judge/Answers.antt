@@ -9,7 +9,7 @@ use Rattle.record_save.specs.Creating.{IsGiving}
 use Rattle.record_save.proofs.UpsertJudging.{KeyLaws, no_key, upserts}
 use Rattle.record_save.specs.upsert.Upserting.{PlansEither, ReadsFoundByKey}
 use Rattle.record_save.specs.upsert.inner.Deciding.{DecidesByKey, answered_upsert}
-use Rattle.record_save.specs.upsert.inner.Finding.{FindsKey, IsKey}
+use Rattle.record_save.specs.upsert.Finding.{FindsKey, IsKey}
 use Rattle.record_save.proofs.upsert.upserting.UpsertEdit.judge.Goals as goal
 
 pub returns-in_err-key-clause-what : goal.returns-in_err-key-clause-what

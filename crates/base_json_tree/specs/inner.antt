@@ -1,0 +1,2 @@
+-- Words of private functions' contracts alone.
+pub mod Printed

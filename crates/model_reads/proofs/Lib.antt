@@ -1,0 +1,2 @@
+mod Decoded
+mod Same
